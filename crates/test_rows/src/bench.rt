@@ -7,6 +7,96 @@ use gptman::disk::faulty::FaultyDisk;
 use gptman::{Edit, GPT, MemoryDisk};
 use std::alloc::{AllocError, Global};
 
+// The kinds of calls.
+#[derive(Clone, Copy)]
+enum Kind {
+    Value,
+    NewDisk,
+    Disk,
+    NewTable,
+    Table,
+    Header,
+    HeaderOnDisk,
+    Entry,
+    EntryChange,
+    Place,
+    Edit,
+}
+
+// The calls of each kind.
+const CALLS: [(Kind, &[&str]); 11] = [
+    (Kind::Value, &["crc", "name", "units", "mbr_bytes"]),
+    (
+        Kind::NewDisk,
+        &["disk", "copy", "fuse", "fault", "stop", "cut", "poke"],
+    ),
+    (
+        Kind::Disk,
+        &[
+            "bytes", "same", "calls", "goto", "end", "take", "lay", "sync", "mbr",
+        ],
+    ),
+    (Kind::NewTable, &["new", "read", "find", "clone", "parts"]),
+    (
+        Kind::Table,
+        &["show", "used", "is", "equal", "fits", "layout", "write"],
+    ),
+    (
+        Kind::Header,
+        &[
+            "header",
+            "sum",
+            "seal",
+            "seal_array",
+            "set",
+            "encode_header",
+            "decode_header",
+        ],
+    ),
+    (
+        Kind::HeaderOnDisk,
+        &[
+            "read_header",
+            "put_header",
+            "new_header",
+            "fit",
+            "write_header",
+            "read_entries",
+        ],
+    ),
+    (
+        Kind::Entry,
+        &["entry", "index", "size", "sectors", "range", "encode", "at"],
+    ),
+    (
+        Kind::EntryChange,
+        &[
+            "put",
+            "change",
+            "swap",
+            "give",
+            "decode",
+            "each",
+            "remove",
+            "free_at",
+            "sort",
+            "read_entry",
+        ],
+    ),
+    (Kind::Place, &["free", "first", "last", "best", "maximum"]),
+    (Kind::Edit, &["edit", "make", "apply", "commit"]),
+];
+
+// Returns the kind of the call, if there is such a call.
+fn kind_of(call: &str) -> Option<Kind> {
+    for (kind, calls) in CALLS {
+        if calls.contains(&call) {
+            return Some(kind);
+        }
+    }
+    None
+}
+
 /// Up to 26 disks, 26 tables, and the listed edits.
 #[derive(Drop)]
 pub(crate) struct Bench {
@@ -35,38 +125,19 @@ impl Bench {
     /// Returns the answer to a row.
     pub(crate) fn answer(&mut self, line: &str) -> Answered {
         let row = Row::new(line);
-        match row.call() {
-            "crc" | "name" | "units" | "mbr_bytes" => values::answer(self.alloc, row),
-            "disk" | "copy" | "fuse" | "fault" | "stop" | "cut" | "poke" => {
-                disks::make(self, row)
-            }
-            "bytes" | "same" | "calls" | "goto" | "end" | "take" | "lay" | "sync" | "mbr" => {
-                disks::answer(self, row)
-            }
-            "new" | "read" | "find" | "clone" | "parts" => tables::make(self, row),
-            "show" | "used" | "is" | "equal" | "fits" | "layout" | "write" => {
-                tables::answer(self, row)
-            }
-            "header" | "sum" | "seal" | "seal_array" | "set" | "encode_header" | "decode_header" =>
-                { headers::answer(self, row) }
-            "read_header" | "put_header" | "new_header" | "fit" | "write_header" | "read_entries" =>
-                { headers::on_disk(self, row) }
-            "entry" | "index" | "size" | "sectors" | "range" | "encode" | "at" => {
-                entries::answer(self, row)
-            }
-            "put"
-            | "change"
-            | "swap"
-            | "give"
-            | "decode"
-            | "each"
-            | "remove"
-            | "free_at"
-            | "sort"
-            | "read_entry" => entries::change(self, row),
-            "free" | "first" | "last" | "best" | "maximum" => places::answer(self, row),
-            "edit" | "make" | "apply" | "commit" => edits::answer(self, row),
-            _ => Err(Fault::Row),
+        match kind_of(row.call()) {
+            Some(Kind::Value) => values::answer(self.alloc, row),
+            Some(Kind::NewDisk) => disks::make(self, row),
+            Some(Kind::Disk) => disks::answer(self, row),
+            Some(Kind::NewTable) => tables::make(self, row),
+            Some(Kind::Table) => tables::answer(self, row),
+            Some(Kind::Header) => headers::answer(self, row),
+            Some(Kind::HeaderOnDisk) => headers::on_disk(self, row),
+            Some(Kind::Entry) => entries::answer(self, row),
+            Some(Kind::EntryChange) => entries::change(self, row),
+            Some(Kind::Place) => places::answer(self, row),
+            Some(Kind::Edit) => edits::answer(self, row),
+            None => Err(Fault::Row),
         }
     }
 

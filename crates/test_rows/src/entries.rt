@@ -37,22 +37,32 @@ fn of_entry(alloc: Global, entry: &GPTPartitionEntry, row: Row) -> Answered {
 fn shown(alloc: Global, entry: &GPTPartitionEntry) -> Answered {
     let (first, last) = (entry.starting_lba, entry.ending_lba);
     let (attributes, name) = (entry.attribute_bits, entry.partition_name.as_str());
-    let (kind, guid) = (entry.partition_type_guid, entry.unique_partition_guid);
-    let state = match (entry.is_used(), entry.is_unused()) {
+    let (state, guids, same) = (state_of(entry), guids_of(alloc, entry)?, compared(entry)?);
+    let text = format!(in alloc; "{state} {guids} {first}..{last} {attributes} {name:?} {same}");
+    Ok(Answer::Text(text?))
+}
+
+fn state_of(entry: &GPTPartitionEntry) -> &'static str {
+    match (entry.is_used(), entry.is_unused()) {
         (true, false) => "used",
         (false, true) => "unused",
         _ => "neither",
-    };
-    let same = if entry.clone()? == *entry {
-        "equal"
+    }
+}
+
+fn guids_of(alloc: Global, entry: &GPTPartitionEntry) -> Result<String, Fault> {
+    let kind = hex_of(alloc, &entry.partition_type_guid)?;
+    let guid = hex_of(alloc, &entry.unique_partition_guid)?;
+    Ok(format!(in alloc; "{kind} {guid}")?)
+}
+
+// Reports whether the entry is equal to its clone.
+fn compared(entry: &GPTPartitionEntry) -> Result<&'static str, Fault> {
+    if entry.clone()? == *entry {
+        Ok("equal")
     } else {
-        "not equal"
-    };
-    let (kind, guid) = (hex_of(alloc, &kind)?, hex_of(alloc, &guid)?);
-    let text = format!(in alloc;
-        "{state} {kind} {guid} {first}..{last} {attributes} {name:?} {same}"
-    );
-    Ok(Answer::Text(text?))
+        Ok("not equal")
+    }
 }
 
 fn byte_range(alloc: Global, table: &GPT, number: u32) -> Answered {
@@ -74,22 +84,32 @@ fn index(alloc: Global, table: &GPT, number: u32) -> Answered {
 /// put T number= KEY= ..; change T number= KEY= ..; swap T number= other=; give T number= from= other=; decode T number=
 /// bytes=; each T attributes=; remove T number=; free_at T sector=; sort T; read_entry T number= on= at=
 pub(crate) fn change(bench: &mut Bench, row: Row) -> Answered {
-    let alloc = bench.alloc;
     match row.call() {
-        "give" => {
-            let entry = held(&mut bench.tables, row.slot_of("from")?)?
-                .get(row.short("other")?)
-                .ok_or(Fault::Row)?
-                .clone()?;
-            *entry_at(bench.table(row)?, row.short("number")?)? = entry;
+        "give" | "read_entry" => {
+            let entry = other_entry(bench, row)?;
+            put_at(bench.table(row)?, row.short("number")?, entry)?;
         }
-        "read_entry" => {
-            let entry = read_entry(alloc, bench.disk(row, "on")?, row.number("at")?)?;
-            *entry_at(bench.table(row)?, row.short("number")?)? = entry;
-        }
-        _ => change_in(alloc, bench.table(row)?, row)?,
+        _ => change_in(bench.alloc, bench.table(row)?, row)?,
     }
     Ok(Answer::Done)
+}
+
+// Returns an entry of another table, or one that is read from a disk.
+fn other_entry(bench: &mut Bench, row: Row) -> Result<GPTPartitionEntry, Fault> {
+    let alloc = bench.alloc;
+    if row.call() == "read_entry" {
+        return read_entry(alloc, bench.disk(row, "on")?, row.number("at")?);
+    }
+    let table = held(&mut bench.tables, row.slot_of("from")?)?;
+    copy_of(table, row.short("other")?, Fault::Row)
+}
+
+// Returns a copy of the entry, or the fault if there is none.
+fn copy_of(table: &GPT, number: u32, missing: Fault) -> Result<GPTPartitionEntry, Fault> {
+    match table.get(number) {
+        Some(entry) => Ok(entry.clone()?),
+        None => Err(missing),
+    }
 }
 
 fn change_in(alloc: Global, table: &mut GPT, row: Row) -> Result<(), Fault> {
@@ -120,8 +140,7 @@ fn put(alloc: Global, table: &mut GPT, row: Row) -> Result<(), Fault> {
 
 fn decode(alloc: Global, table: &mut GPT, row: Row) -> Result<(), Fault> {
     let entry = decoded(alloc, &row.bytes(alloc, "bytes")?)?;
-    *entry_at(table, row.short("number")?)? = entry;
-    Ok(())
+    put_at(table, row.short("number")?, entry)
 }
 
 // Returns the entry through the mutable index operator.
@@ -132,13 +151,18 @@ fn entry_at(table: &mut GPT, number: u32) -> Result<&mut GPTPartitionEntry, Faul
     Ok(&mut table[number])
 }
 
+// Replaces the entry through the mutable index operator.
+fn put_at(table: &mut GPT, number: u32, entry: GPTPartitionEntry) -> Result<(), Fault> {
+    *entry_at(table, number)? = entry;
+    Ok(())
+}
+
 fn swap(table: &mut GPT, row: Row) -> Result<(), Fault> {
     let (one, other) = (row.short("number")?, row.short("other")?);
-    let first = table.get(one).ok_or(Fault::Requires)?.clone()?;
-    let second = table.get(other).ok_or(Fault::Requires)?.clone()?;
-    *entry_at(table, one)? = second;
-    *entry_at(table, other)? = first;
-    Ok(())
+    let first = copy_of(table, one, Fault::Requires)?;
+    let second = copy_of(table, other, Fault::Requires)?;
+    put_at(table, one, second)?;
+    put_at(table, other, first)
 }
 
 // Sets the attributes of each used entry.
