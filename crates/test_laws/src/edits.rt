@@ -43,22 +43,31 @@ pub fn write_edited<D: Disk>(table: &mut GPT, disk: &mut D, edits: &[Edit]) -> R
 #[cfg(test)]
 mod tests {
     use super::*;
+    use crate::disks::shown;
+    use gptman::MemoryDisk;
+    use std::alloc::Global;
     use std::test::Fail;
-    use test_fixtures::{samples, tables, texts};
+    use test_fixtures::{samples, tables};
+
+    // Returns disk 1 after these edits.
+    fn edited(alloc: Global, edits: &[Edit]) -> Result<MemoryDisk> {
+        let mut disk = samples::disk_of(alloc, 0, 51_200)?;
+        let mut table = samples::disk_1(alloc)?;
+        tables::write(&mut table, &mut disk)?;
+        if table.sector_size > 0 && table.is_coherent() {
+            write_edited(&mut table, &mut disk, edits)?;
+        }
+        Ok(disk)
+    }
 
     #[test]
     fn a_list_of_edits_is_written(rt: HostRuntime) -> std::result::Result<(), Fail> {
         let alloc = rt.alloc();
-        let mut disk = samples::disk_of(alloc, 0, 51_200)?;
-        let mut table = samples::disk_1(alloc)?;
-        tables::write(&mut table, &mut disk)?;
-        assert!(rt; table.sector_size > 0 && table.is_coherent());
         let mut edits = Vec::new(alloc);
         edits.push(Edit::Remove(1))?;
         edits.push(Edit::SortEntries)?;
-        write_edited(&mut table, &mut disk, &edits)?;
-        let read = tables::read(alloc, &mut disk, 512)?;
-        assert!(rt; texts::used(alloc, &read)?.as_str() == ", 1 Bar 48..52");
+        let shown = shown(alloc, &mut edited(alloc, &edits)?)?;
+        assert!(rt; shown.as_str() == "512 1/99/2 34..66 align 48, 1 Bar 48..52");
         Ok(())
     }
 }

@@ -78,17 +78,10 @@ pub fn grow_and_change<D: Disk>(
 #[cfg(test)]
 mod tests {
     use super::*;
+    use crate::disks::{LONGER, disk_of, shown, word_of};
     use gptedit_core::Job;
-    use gptman::MemoryDisk;
     use std::test::Fail;
-    use test_fixtures::{calls, samples, tables, texts};
-
-    // Returns a disk of 200 sectors that holds a table for 100.
-    fn longer_disk(alloc: Global) -> Result<MemoryDisk> {
-        let mut image = samples::image_of_new(alloc, 0)?;
-        image.resize(102_400, 0)?;
-        calls::holding(alloc, &image)
-    }
+    use test_fixtures::{tables, texts};
 
     fn sorting(alloc: Global) -> Request
         ensures ready { has_random result }
@@ -102,22 +95,20 @@ mod tests {
 
     #[test]
     fn a_fitted_request_is_written(rt: HostRuntime) -> std::result::Result<(), Fail> {
-        let mut disk = longer_disk(rt.alloc())?;
-        let request = sorting(rt.alloc());
+        let (alloc, size) = (rt.alloc(), Some(512));
+        let mut disk = disk_of(alloc, LONGER)?;
+        let request = sorting(alloc);
         let fitted = FittedRequest { request };
-        let outcome = change_fitted(rt.alloc(), &mut disk, Some(512), &fitted)?;
-        assert!(rt; matches!(outcome, Outcome::Changed { .. }));
-        let table = tables::read(rt.alloc(), &mut disk, 512)?;
-        let shown = texts::shown(rt.alloc(), &table)?;
+        assert!(rt; word_of(change_fitted(alloc, &mut disk, size, &fitted)?) == "changed");
+        let shown = shown(alloc, &mut disk)?;
         assert!(rt; shown.as_str() == "512 1/199/2 34..166 align 2048");
-        let outcome = change_fitted(rt.alloc(), &mut disk, Some(512), &fitted)?;
-        assert!(rt; matches!(outcome, Outcome::Unchanged { .. }));
+        assert!(rt; word_of(change_fitted(alloc, &mut disk, size, &fitted)?) == "unchanged");
         Ok(())
     }
 
     #[test]
     fn a_growth_and_a_request(rt: HostRuntime) -> std::result::Result<(), Fail> {
-        let mut disk = longer_disk(rt.alloc())?;
+        let mut disk = disk_of(rt.alloc(), LONGER)?;
         let mut table = tables::read(rt.alloc(), &mut disk, 512)?;
         assert!(rt; table.sector_size > 0 && table.is_coherent() && table.align > 0);
         let rewriting = Request {

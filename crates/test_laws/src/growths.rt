@@ -89,33 +89,23 @@ pub fn grow_twice<D: Disk>(
 #[cfg(test)]
 mod tests {
     use super::*;
-    use gptman::MemoryDisk;
+    use crate::disks::{LONGER, disk_of, shown, word_of};
     use std::test::Fail;
-    use test_fixtures::{calls, samples, tables, texts};
-
-    // Returns a disk of 200 sectors that holds a table for 100.
-    fn longer_disk(alloc: Global) -> Result<MemoryDisk> {
-        let mut image = samples::image_of_new(alloc, 0)?;
-        image.resize(102_400, 0)?;
-        calls::holding(alloc, &image)
-    }
+    use test_fixtures::tables;
 
     #[test]
     fn a_table_is_fitted(rt: HostRuntime) -> std::result::Result<(), Fail> {
-        let mut disk = longer_disk(rt.alloc())?;
-        let outcome = fit(rt.alloc(), &mut disk, Some(512))?;
-        assert!(rt; matches!(outcome, Outcome::Changed { .. }));
-        let outcome = widen(rt.alloc(), &mut disk, Some(512))?;
-        assert!(rt; matches!(outcome, Outcome::Unchanged { .. }));
-        let table = tables::read(rt.alloc(), &mut disk, 512)?;
-        let shown = texts::shown(rt.alloc(), &table)?;
+        let mut disk = disk_of(rt.alloc(), LONGER)?;
+        assert!(rt; word_of(fit(rt.alloc(), &mut disk, Some(512))?) == "changed");
+        assert!(rt; word_of(widen(rt.alloc(), &mut disk, Some(512))?) == "unchanged");
+        let shown = shown(rt.alloc(), &mut disk)?;
         assert!(rt; shown.as_str() == "512 1/199/2 34..166 align 2048");
         Ok(())
     }
 
     #[test]
     fn a_table_grows_once(rt: HostRuntime) -> std::result::Result<(), Fail> {
-        let mut disk = longer_disk(rt.alloc())?;
+        let mut disk = disk_of(rt.alloc(), LONGER)?;
         let mut table = tables::read(rt.alloc(), &mut disk, 512)?;
         assert!(rt; table.sector_size > 0 && table.is_coherent() && table.align > 0);
         let growth = Growth {

@@ -2,6 +2,8 @@
 //! calls, and from laws.
 #![tactic(auto)]
 
+#[cfg(test)]
+mod disks;
 pub mod edits;
 pub mod fittings;
 pub mod growths;

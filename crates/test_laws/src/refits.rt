@@ -37,17 +37,10 @@ pub fn change_both<D: Disk>(
 #[cfg(test)]
 mod tests {
     use super::*;
+    use crate::disks::{count_entries, disk_of, shown, word_of};
     use gptedit_core::{Job, Refusal, Request, ReshapedRequest, Shape};
-    use gptman::MemoryDisk;
+    use std::process::Abort;
     use std::test::Fail;
-    use test_fixtures::{calls, samples, tables, texts};
-
-    // Returns a disk of this number of bytes that holds a table for 100 sectors.
-    fn disk_of(alloc: Global, size: usize) -> Result<MemoryDisk> {
-        let mut image = samples::image_of_new(alloc, 0)?;
-        image.resize(size, 0)?;
-        calls::holding(alloc, &image)
-    }
 
     fn sorting(alloc: Global, entries: u32, first: u64, last: u64) -> FittedReshapedRequest
         ensures ready { has_random_both result }
@@ -77,17 +70,27 @@ mod tests {
             (46_080, 56, 16, 74, "512 1/89/2 16..74 align 2048"),
             (51_200, 56, 16, 84, "512 1/99/2 16..84 align 2048"),
         ] {
-            let mut disk = disk_of(rt.alloc(), size)?;
             let both = sorting(rt.alloc(), entries, first, last);
-            let outcome = change_both(rt.alloc(), &mut disk, Some(512), &both)?;
-            assert!(rt; matches!(outcome, Outcome::Changed { .. }));
-            let table = tables::read(rt.alloc(), &mut disk, 512)?;
-            let shown = texts::shown(rt.alloc(), &table)?;
-            assert!(rt; shown.as_str() == wanted);
-            assert!(rt; table.header.number_of_partition_entries == entries);
-            let outcome = change_both(rt.alloc(), &mut disk, Some(512), &both)?;
-            assert!(rt; matches!(outcome, Outcome::Unchanged { .. }));
+            assert_shaped(&rt, size, &both, wanted)?;
         }
+        Ok(())
+    }
+
+    // Asserts that the request changes the table on a disk of `size` bytes to this one, and then changes nothing.
+    fn assert_shaped<R: Abort + AllocGlobal>(
+        rt: &R,
+        size: usize,
+        both: &FittedReshapedRequest,
+        wanted: &str,
+    ) -> std::result::Result<(), Fail>
+        requires { has_random_both both.now }
+    {
+        let alloc = rt.alloc();
+        let mut disk = disk_of(alloc, size)?;
+        assert!(rt; word_of(change_both(alloc, &mut disk, Some(512), both)?) == "changed");
+        assert!(rt; shown(alloc, &mut disk)?.as_str() == wanted);
+        assert!(rt; count_entries(alloc, &mut disk)? == both.reshaped.shape.entries);
+        assert!(rt; word_of(change_both(alloc, &mut disk, Some(512), both)?) == "unchanged");
         Ok(())
     }
 
