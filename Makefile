@@ -5,7 +5,7 @@
 # Where `make install` puts the programs and their manual pages.
 PREFIX = /usr/local
 
-# A first look in two minutes: builds gptedit before its proof, and shows the table of an image.
+# A first look in a few minutes: builds gptedit before its proof, and shows the table of an image.
 try:
 	@scripts/try
 
@@ -109,9 +109,10 @@ crash-states: gptimg gptedit
 # examples/growpart on its root, has other programs, kernels and boot loaders read such images, runs mkosi and vmdb2
 # with gptedit, compares the library for C with others, and has tests/gptedit try wrong programs, each of which must
 # fail; each where what it needs is installed.
-# They stand beside the gate. The model of gptedit plays COMMANDS random commands of a SEED.
+# They stand beside the gate. The model of gptedit plays COMMANDS random commands of a SEED, and IMAGES are damaged.
 SEED = 2
 COMMANDS = 5000
+IMAGES = 500
 trials: gptimg gptedit
 	@python3 -B trials/crash_states/changes.py ./gptedit
 	@trials/with_firmware.sh
@@ -123,5 +124,6 @@ trials: gptimg gptedit
 	@python3 -B trials/image_builders.py
 	@python3 -B tests/gptedit ./gptedit uses sources locks holders
 	@python3 -B tests/gptedit/model.py ./gptedit $(SEED) $(COMMANDS)
+	@python3 -B tests/gptedit/damaged.py ./gptedit $(SEED) $(IMAGES)
 	@python3 -B trials/planted
 	@trials/packages.sh

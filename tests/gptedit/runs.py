@@ -15,7 +15,7 @@ from harness.images import Reader, changed, is_in
 GATE = ["commands", "refusals", "layouts", "matching", "shaping", "backups", "script_inputs", "appending", "texts", "scripts",
         "real_scripts", "outputs", "guards", "checks", "safety", "salvaging", "everyday", "traces", "marks", "stops",
         "streams", "rules", "maps", "completions", "queries", "targets", "settings", "kinds", "sizes", "fitting", "clones",
-        "growparts", "machine", "model", "peers"]
+        "growparts", "machine", "model", "damaged", "peers"]
 TRIALS = ["uses", "sources", "locks", "holders"]
 MODULES = GATE + TRIALS
 CHANGES = ["new", "add", "set", "resize", "remove", "sort", "grow", "repair", "randomize", "apply", "wipe"]

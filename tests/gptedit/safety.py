@@ -63,6 +63,33 @@ def try_broken(tally, program):
     holds(tally, program, "repair over a loader", ONE)
 
 
+def shown(program):
+    """The partitions that `show` prints: of each the GUID, the first sector, the length and the name."""
+    status, out, err = program.run("show", IMAGE, "--json")
+    if status:
+        return status, err
+    found = json.loads(out)["partitiontable"]["partitions"]
+    return [(one["uuid"].lower(), one["start"], one["size"], one["name"]) for one in found]
+
+
+def try_wrong_byte(tally, program):
+    """A wrong bit of one header hides nothing of the other copy, also where it makes the number of entries large."""
+    make(program, TWO)
+    before, whole = program.state(IMAGE), program.bytes_of(IMAGE)
+    partitions = [(one.guid, one.first, one.last - one.first + 1, one.name) for one in TWO.values()]
+    bits = [(byte, byte % 8) for byte in range(92)] + [(byte, bit) for byte in range(80, 84) for bit in range(8)]
+    for header in 512, SIZE - 512:
+        for byte, bit in bits:
+            what = f"bit {bit} of byte {byte} of the header at byte {header}"
+            program.put(IMAGE, header + byte, bytes([whole[header + byte] ^ 1 << bit]))
+            tally.equals(f"the partitions with another {what}", partitions, shown(program))
+            ended = program.run("check", IMAGE)
+            tally.holds(f"check with another {what} names repair: {ended}", ended[0] == 1 and
+                        f"gptedit repair {IMAGE}" in ended[1])
+            goes(tally, program, ["repair", IMAGE])
+            tally.holds(f"repair puts back {what}", program.state(IMAGE) == before)
+
+
 def try_old_entries(tally, program):
     """Entries in the place of a copy without a header are named as such, and not as a boot loader."""
     for header, array in (512, 1024), (SIZE - 512, SIZE - 33 * 512):
@@ -569,7 +596,8 @@ def try_grow_stops(tally, program):
 
 
 SUBJECTS = {"entries that are elsewhere": try_elsewhere, "a low last sector": try_low_last,
-            "places of broken copies": try_broken, "old entries in such places": try_old_entries,
+            "places of broken copies": try_broken, "wrong bytes of a header": try_wrong_byte,
+            "old entries in such places": try_old_entries,
             "the new place of the backup copy": try_new_end, "a file system over the disk": try_superfloppy,
             "repair --bounds": try_repair_bounds,
             "DOS disks": try_dos_disk, "what is no DOS disk": try_no_dos, "hybrid MBRs": try_hybrid,

@@ -72,6 +72,21 @@ def try_bad_other_header(tally, program):
     is_written(tally, program, "a broken backup header", out, found)
 
 
+def try_wrong_byte(tally, program):
+    """A header with one wrong byte, without the other header, gives the whole table."""
+    for sector, count in (512, 56), (512, 260), (4096, 260):
+        size = SIZE * sector // 512
+        for good, other in ("primary", "backup"), ("backup", "primary"):
+            for byte in 3, 9, 13, 17, 20, 26, 42, 60, 74, 82, 90:
+                found = make(program, TWO, size, sector, count=count)
+                places = Places(found, size, sector)
+                lose(program, places, [other])
+                program.flip(IMAGE, places.headers[good] + byte)
+                what = f"a {good} header with another byte {byte} ({sector}, {count})"
+                out = salvaged(tally, program, what)
+                is_written(tally, program, what, out, found, sector, size)
+
+
 def try_grown(tally, program):
     """The entries of the backup copy are where the disk ended when the table was written."""
     found = make(program, TWO)
@@ -156,6 +171,7 @@ def try_count(tally, program):
 
 
 SUBJECTS = {"a header and the other's entries": try_mixed, "a broken other header": try_bad_other_header,
+            "a wrong byte of a header": try_wrong_byte,
             "entries before the old end": try_grown, "entries without a header": try_no_header,
             "entries that differ": try_differing, "entries that are lost": try_lost,
             "salvage of no partitions": try_empty, "entries that are counted": try_count}

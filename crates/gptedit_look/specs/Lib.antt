@@ -6,4 +6,5 @@ pub mod Seen
 pub mod Protective
 pub mod Mended
 pub mod Wiped
+pub mod Counted
 pub mod Harm

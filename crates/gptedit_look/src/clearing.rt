@@ -111,7 +111,7 @@ fn is_beside(
 }
 
 // Reads the header at this place, if it is valid.
-fn read_header<D: Disk>(
+pub(crate) fn read_header<D: Disk>(
     disk: &mut D,
     place: HeaderPlace,
     sector_size: u64,

@@ -1,16 +1,18 @@
 //! The inspection of a disk.
 
-ghost use Rattle.std.specs.Prelude.{◌<◌};
+ghost use Rattle.std.specs.Prelude.{◌<◌, IfOk};
 ghost use Rattle.gptman.specs.Answers.{HasCause};
-ghost use Rattle.gptman.specs.Disk.{Reads};
+ghost use Rattle.gptman.specs.Disk.{IsHonest, Reads};
+ghost use Rattle.gptedit_look.specs.Counted.{IsCounted, IsCountedAt, IsCountedIn, IsTooManyOf};
 
+use crate::clearing::read_header;
 use crate::first_sector::{FirstSector, read_first_sector};
 use crate::marks::{Content, find_contents, find_footer};
 use crate::raw::{RawHeader, read_raw_header, read_raw_header_at};
 use crate::seen::{Look, Looked};
 use crate::signatures::{HeaderPlace, Signature, find_signatures};
 use gptman::sizes::MAX_ENTRY_COUNT;
-use gptman::{BothCopies, Disk, Error, GPT, Result, check};
+use gptman::{BothCopies, Disk, Error, GPT, GPTHeader, Result, check};
 use gptman_change::read_table;
 use std::alloc::Global;
 
@@ -20,7 +22,7 @@ const DEFAULT_SECTOR_SIZE: u64 = 512;
 /// Inspects a disk with this sector size in bytes. `None` detects it: 512, or 4096 if there is no signature with 512.
 /// Only reads.
 ///
-/// Returns `Looked::TooMany` before any entries are read if a header counts more than `MAX_ENTRY_COUNT`.
+/// Returns `Looked::TooMany` before any entries are read if a valid header counts more than `MAX_ENTRY_COUNT`.
 ///
 /// # Errors
 /// `Io` if the disk fails, `OutOfMemory` if an allocation fails.
@@ -28,6 +30,7 @@ const DEFAULT_SECTOR_SIZE: u64 = 512;
 pub fn look<D: Disk>(alloc: Global, disk: &mut D, sector_size: Option<u64>) -> Result<Looked>
     ensures reads { Reads (D.state disk.old) (D.state disk.new) }
     ensures cause { HasCause result (D.state disk.old) (D.state disk.new) }
+    ensures counted { IsHonest (D.state disk.old) → IfOk result (IsCounted sector_size (D.state disk.old).view) }
 {
     if let Some(count) = find_too_many(disk, sector_size)? {
         return Ok(Looked::TooMany(count));
@@ -45,11 +48,12 @@ fn look_whole<D: Disk>(alloc: Global, disk: &mut D, sector_size: Option<u64>) ->
     see(alloc, disk, sector_size, table)
 }
 
-// Returns the entry count of the first header that counts too many.
+// Returns the entry count of the first valid header that counts too many.
 #[tactic(auto, using(gptman::proofs::Readers::both_read, gptman::proofs::Runs::rose_since))]
 fn find_too_many<D: Disk>(disk: &mut D, sector_size: Option<u64>) -> Result<Option<u32>>
     ensures reads { Reads (D.state disk.old) (D.state disk.new) }
     ensures cause { HasCause result (D.state disk.old) (D.state disk.new) }
+    ensures counted { IsHonest (D.state disk.old) → IfOk result (IsCountedIn sector_size (D.state disk.old).view) }
 {
     match sector_size {
         Some(size) => find_too_many_in(disk, size),
@@ -64,17 +68,22 @@ fn find_too_many<D: Disk>(disk: &mut D, sector_size: Option<u64>) -> Result<Opti
 fn find_too_many_in<D: Disk>(disk: &mut D, sector_size: u64) -> Result<Option<u32>>
     ensures reads { Reads (D.state disk.old) (D.state disk.new) }
     ensures cause { HasCause result (D.state disk.old) (D.state disk.new) }
+    ensures counted { IsHonest (D.state disk.old) → IfOk result (IsCountedAt sector_size (D.state disk.old).view) }
 {
-    let primary = read_raw_header(disk, sector_size, HeaderPlace::Start)?;
-    let backup = read_raw_header(disk, sector_size, HeaderPlace::End)?;
+    let primary = read_header(disk, HeaderPlace::Start, sector_size)?;
+    let backup = read_header(disk, HeaderPlace::End, sector_size)?;
     Ok(too_many_of(primary).or(too_many_of(backup)))
 }
 
 // Returns the entry count, if it is too large.
-fn too_many_of(header: Option<RawHeader>) -> Option<u32> {
-    match header {
-        Some(header) if header.count > MAX_ENTRY_COUNT => Some(header.count),
-        _ => None,
+fn too_many_of(header: Option<GPTHeader>) -> Option<u32>
+    ensures { IsTooManyOf header result }
+{
+    let count = header?.number_of_partition_entries;
+    if count > MAX_ENTRY_COUNT {
+        Some(count)
+    } else {
+        None
     }
 }
 

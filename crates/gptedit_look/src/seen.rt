@@ -42,7 +42,7 @@ pub struct Look {
 pub enum Looked {
     /// The disk was inspected.
     Seen(Look),
-    /// A header counts this number of entries, more than `MAX_ENTRY_COUNT`.
+    /// A valid header counts this number of entries, more than `MAX_ENTRY_COUNT`.
     TooMany(u32),
 }
 

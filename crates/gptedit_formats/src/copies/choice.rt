@@ -3,8 +3,8 @@
 use crate::copies::arrays::ArraySpan;
 use crate::copies::found::{CopyKind, FoundCopy, Spot};
 
-/// Returns the index of the best copy. Copies with faults and without sensible entries come last; then fewer faults,
-/// more sensible entries, and the order primary, backup, other decide.
+/// Returns the index of the best copy. Copies with faults and without sensible entries come last; then fewer faults that
+/// are not mended, fewer that are, a header, more sensible entries, and the order primary, backup, other decide.
 pub fn find_best(copies: &[FoundCopy]) -> Option<usize> {
     let mut best: Option<(Rank, usize)> = None;
     for (index, copy) in copies.iter().enumerate() {
@@ -21,11 +21,12 @@ pub fn find_best(copies: &[FoundCopy]) -> Option<usize> {
 }
 
 // Lower is better.
-type Rank = (bool, usize, usize, u8);
+type Rank = (bool, usize, usize, bool, usize, u8);
 
 fn rank_of(copy: &FoundCopy) -> Rank {
     let sensible = copy.count_sensible();
     let is_suspect = sensible == 0 && !copy.faults.is_empty();
+    let mended = copy.faults.iter().filter(|fault| fault.is_mended()).count();
     let place = match copy.spot.kind {
         CopyKind::Primary => 0,
         CopyKind::Backup => 1,
@@ -33,7 +34,9 @@ fn rank_of(copy: &FoundCopy) -> Rank {
     };
     (
         is_suspect,
-        copy.faults.len(),
+        copy.faults.len().saturating_sub(mended),
+        mended,
+        copy.header.is_none(),
         usize::MAX.saturating_sub(sensible),
         place,
     )

@@ -100,6 +100,17 @@ impl Fault {
                 | Fault::EntriesChecksum { .. }
         )
     }
+
+    /// Reports whether what was read matches its checksum in spite of this fault.
+    pub fn is_mended(&self) -> bool {
+        matches!(
+            self,
+            Fault::HeaderByte { .. }
+                | Fault::EntryByte { .. }
+                | Fault::MovedEntries { .. }
+                | Fault::OtherEntries { .. }
+        )
+    }
 }
 
 impl fmt::Display for Fault {

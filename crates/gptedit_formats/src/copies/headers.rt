@@ -37,8 +37,11 @@ pub fn decode_header(alloc: Global, sector: &mut [u8], spot: Spot) -> Result<See
         return Ok(Seen::Nothing);
     }
     let mut faults = Vec::new(alloc);
-    note_form(&mut faults, &stored, sector.len())?;
-    let header = check_sum(&mut faults, stored, sector)?;
+    let (header, wrong) = check_sum(stored, sector);
+    note_form(&mut faults, &header, sector.len())?;
+    if let Some(fault) = wrong {
+        faults.push(fault)?;
+    }
     note_places(&mut faults, &header, spot)?;
     Ok(Seen::Header(header, faults))
 }
@@ -74,12 +77,8 @@ fn note_form(faults: &mut Vec<Fault>, header: &GPTHeader, len: usize) -> Result<
     Ok(())
 }
 
-// Records a wrong checksum, or the one byte that makes it right. Returns the header with this byte.
-fn check_sum(
-    faults: &mut Vec<Fault>,
-    header: GPTHeader,
-    sector: &mut [u8],
-) -> Result<GPTHeader, AllocError> {
+// Returns the header, in which one wrong byte is corrected, and the fault of its checksum.
+fn check_sum(header: GPTHeader, sector: &mut [u8]) -> (GPTHeader, Option<Fault>) {
     let stored = header.crc32_checksum;
     let size = header.header_size;
     let least = checksum_of(sector, LEAST_SIZE);
@@ -89,16 +88,14 @@ fn check_sum(
         least
     };
     if stored == computed {
-        return Ok(header);
+        return (header, None);
     }
     if let Some(wrong) = find_wrong_byte(LEAST_SIZE as usize, stored, least, is_summed) {
-        if let Some(mended) = mend(header, sector, wrong) {
-            faults.push(mended.1)?;
-            return Ok(mended.0);
+        if let Some((mended, fault)) = mend(header, sector, wrong) {
+            return (mended, Some(fault));
         }
     }
-    faults.push(Fault::HeaderChecksum { stored, computed })?;
-    Ok(header)
+    (header, Some(Fault::HeaderChecksum { stored, computed }))
 }
 
 // Reports whether the checksum of a header depends on the byte.
