@@ -34,6 +34,16 @@ def try_closed(tally, program):
             tally.equals(f"the status of {words} to a full disk", 1, run_with(program, ">/dev/full", *words))
 
 
+def try_sequence(tally, program):
+    """Where both streams are one, what is to be told of a change comes after its report."""
+    start(program, False)
+    words = by_shell("", [program.path, "apply", "disk.img", "-", "--replace"], "2>&1")
+    lines = subprocess.run(words, cwd=program.folder, check=False, input="size=1M, bootable\n", text=True,
+                           stdout=subprocess.PIPE).stdout.splitlines()
+    tally.holds(f"the report comes first: {lines}", len(lines) > 1 and lines[0].startswith("+ 1 "))
+    tally.equals("the last line", "line 1: bootable sets the attribute legacy-boot", lines[-1])
+
+
 def try_little_memory(tally, program):
     """With too little memory a command says so, or is done; the image is as it was or as asked for."""
     start(program, False, RANDOM)
@@ -122,5 +132,5 @@ def try_hostile(tally, program):
             tally.holds(f"{words} of damaged image {number}: {status}", status in (0, 1, 3))
 
 
-SUBJECTS = {"closed and full streams": try_closed, "little memory": try_little_memory, "the lock": try_lock,
-            "hostile texts and images": try_hostile}
+SUBJECTS = {"closed and full streams": try_closed, "reports and what follows": try_sequence,
+            "little memory": try_little_memory, "the lock": try_lock, "hostile texts and images": try_hostile}

@@ -137,7 +137,8 @@ impl Asked<'_> {
     }
 }
 
-// Makes a change, and names the command by which the kernel learns of it. A layout is read before the image is opened.
+// Makes a change, and then names the command by which the kernel learns of it. A layout is read before the image is
+// opened.
 fn write<R, W: Write>(
     rt: &R,
     out: &mut W,
@@ -158,12 +159,14 @@ where
     let usual = usual_size(&change, parsed.as_ref());
     let look = image.look(alloc, usual)?;
     let kernel_line = make(rt, out, &mut image, look, change, parsed, &asked)?;
+    let flushed = out.flush();
     for line in bootable.iter() {
         let _ = eprintln!(rt; "line {line}: bootable sets the attribute legacy-boot");
     }
     if let Some(line) = &kernel_line {
         let _ = eprintln!(rt; "{line}");
     }
+    flushed?;
     Ok(())
 }
 
