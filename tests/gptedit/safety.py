@@ -331,37 +331,42 @@ def mbr_from(first, sectors, status=0, beside=bytes(48)):
     return start + struct.pack("<II", first, sectors) + beside + b"\x55\xaa"
 
 
-def mended_from(mbr, sectors):
-    """The same with this length, and the last end."""
-    return mbr[:5] + b"\xff\xff\xff" + mbr[8:12] + struct.pack("<I", sectors) + mbr[16:]
+def mended_from(mbr, first, sectors):
+    """The same from this sector on, with this length, and the last end."""
+    return mbr[:5] + b"\xff\xff\xff" + struct.pack("<II", first, sectors) + mbr[16:]
 
 
 def try_starts(tally, program):
-    """An entry that starts elsewhere than in sector 1 keeps its start, and gets the length to the end of the disk."""
+    """Linux finds no table where the entry starts elsewhere than in sector 1: check says so, and repair and grow have
+    it start there. Other writes keep its start, and give it the length to the end of the disk."""
     end = SIZE // 512
-    for first in 0, 2, 34:
+    for first in 0, 2, 34, end, (1 << 32) - 1:
         for words in WRITES:
             make(program, ONE)
             mbr = mbr_from(first, end, 0x80)  # right for an entry from sector 0 on
             program.put(IMAGE, 446, mbr)
             ended = program.run("check", IMAGE)
-            tally.equals(f"check of an entry from sector {first} on", int(first != 0), ended[0])
+            tally.equals(f"check of an entry from sector {first} on", 1, ended[0])
+            tally.contains("what check says of it", f"not start in sector 1, so Linux finds no table: `gptedit repair "
+                           f"{IMAGE}`", ended[1])
             out = goes(tally, program, words)
-            if first == 0:
-                tally.equals(f"a right MBR after {words}", mbr, mbr_of(program))
-            elif words[0] != "sort" or "unchanged" not in out:
-                tally.equals(f"the MBR from sector {first} on after {words}", mended_from(mbr, end - first),
+            if words[0] in ("repair", "grow"):
+                tally.equals(f"the MBR from sector {first} on after {words}", mended_from(mbr, 1, end - 1),
                              mbr_of(program))
                 tally.equals(f"check after {words}", 0, program.run("check", IMAGE)[0])
+            elif first not in (2, 34) or words[0] == "sort" and "unchanged" in out:
+                tally.equals(f"the MBR from sector {first} on after {words}", mbr, mbr_of(program))
+            else:
+                tally.equals(f"the MBR from sector {first} on after {words}", mended_from(mbr, first, end - first),
+                             mbr_of(program))
     unused = bytes([0, 0, 0, 0, 0x83]) + bytes(3) + struct.pack("<II", 2048, 0) + bytes(32)
-    for name, mbr in (("a start past the end", mbr_from(end, 1)),
-                      ("an entry of no sectors beside it", mbr_from(1, 7, 0, unused))):
-        for words in WRITES:
-            make(program, ONE)
-            program.put(IMAGE, 446, mbr)
-            tally.equals(f"check of {name}", 0, program.run("check", IMAGE)[0])
-            goes(tally, program, words)
-            tally.equals(f"{name} after {words}", mbr, mbr_of(program))
+    mbr = mbr_from(1, 7, 0, unused)
+    for words in WRITES:
+        make(program, ONE)
+        program.put(IMAGE, 446, mbr)
+        tally.equals("check of an entry of no sectors beside it", 0, program.run("check", IMAGE)[0])
+        goes(tally, program, words)
+        tally.equals(f"an entry of no sectors beside it after {words}", mbr, mbr_of(program))
 
 
 def try_mbr(tally, program):

@@ -65,7 +65,7 @@ pub fn report<W: Write>(
         )?;
     }
     report_table(out, alloc, image, look, task, plan)?;
-    report_mbr(out, task.purpose, plan.mbr)?;
+    report_mbr(out, look, task.purpose, plan.mbr)?;
     report_hybrid(out, alloc, look, plan)
 }
 
@@ -140,11 +140,20 @@ fn report_table<W: Write>(
 }
 
 // Prints what happens to the MBR. Nothing is printed for a new table, which always has a protective MBR.
-fn report_mbr<W: Write>(out: &mut W, purpose: Purpose, mbr: MbrChange) -> Result<(), Failure> {
+fn report_mbr<W: Write>(
+    out: &mut W,
+    look: &Look,
+    purpose: Purpose,
+    mbr: MbrChange,
+) -> Result<(), Failure> {
+    let may_move = matches!(purpose, Purpose::Repair | Purpose::Fit);
     match (mbr, purpose) {
         (MbrChange::Left, _) | (_, Purpose::New) => (),
         (MbrChange::Made, _) => out.write_all(b"a protective MBR is written\n")?,
         (MbrChange::Mended, _) => {
+            if may_move && !look.first_sector.is_start_right {
+                out.write_all(b"the protective MBR starts in sector 1 again\n")?;
+            }
             out.write_all(b"the protective MBR gets the length of the disk\n")?
         }
     }

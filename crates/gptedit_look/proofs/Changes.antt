@@ -6,7 +6,7 @@ use Rattle.gptman.specs.Mbr.{mbr_bytes, IsMbrStored}
 use Rattle.gptman.specs.Disk.{overlay, DiskState, Reads}
 use Rattle.gptman.proofs.Readers.{both_read}
 use Rattle.gptedit_look.specs.Mended.{change_of, first_bytes, sectors_of, IsChange, IsDone, IsPlan, IsSet}
-use Rattle.gptedit_look.specs.Protective.{HasLength}
+use Rattle.gptedit_look.specs.Protective.{HasSpan}
 use Rattle.gptedit_look.specs.declared.mending.Plan.{Plan}
 use Rattle.gptedit_look.specs.declared.mending.Plan.TheVariants.{Leave, Mend, Make}
 
@@ -29,9 +29,10 @@ change_dry may is_dry ss (Mend misfit) old new room dry planned reads = (
 change_dry may is_dry ss Make old new room dry planned reads = record { vacant = planned.0; may = planned.1; made = λ no. absurd (false≢true (sym no ∙ dry)) }
 
 -- reads before the entry was set
-set_since : (i n m : ℕ) (old mid new : DiskState) → mid.view ≡ old.view → n ≡ m → IsSet i n mid new → IsSet i m old new
-set_since i n m old mid new view same set = record {
-  bytes = subst (λ (x : ℕ). HasLength i x old.view new.view) same (subst (λ (b : List ℕ). HasLength i n b new.view) view set.bytes);
+set_since : (i s t n m : ℕ) (old mid new : DiskState) → mid.view ≡ old.view → s ≡ t → n ≡ m → IsSet i s n mid new → IsSet i t m old new
+set_since i s t n m old mid new view start length set = record {
+  bytes = subst (λ (x : ℕ). HasSpan i t x old.view new.view) length
+      (subst (λ (x : ℕ). HasSpan i x n old.view new.view) start (subst (λ (b : List ℕ). HasSpan i s n b new.view) view set.bytes));
   synced = set.synced;
 }
 
@@ -49,7 +50,7 @@ change_done may is_dry ss (Mend misfit) old mid new room reads view planned done
   misfit.entry,
   record {
     need = record { room = room; marked = planned.0; wrong = planned.1 };
-    set = λ no. set_since misfit.entry misfit.length _ old mid new view planned.2 done;
+    set = λ no. set_since misfit.entry misfit.start _ misfit.length _ old mid new view planned.2 planned.3 done;
   },
 )
 change_done may is_dry ss Make old mid new room reads view planned done =

@@ -1,4 +1,4 @@
--- The protective entry of an MBR, and its length.
+-- The protective entry of an MBR, its start and its length.
 use Rattle.std.proofs.Common.{◌≡◌, ◌≤◌, ◌<◌, ⊎_elim, ◌∙◌, ◌+◌, ◌-◌, ◌*◌, ◌^◌, ℕ, zero, suc, List, [], ◌∷◌, length, get_or, drop, sym, refl, ap, arith}
 use Rattle.std.specs.Prelude.{slice_range}
 use Rattle.std.proofs.lemmas.Bool.{cases_lt}
@@ -9,7 +9,7 @@ use Rattle.gptman.specs.Disk.{overlay, AgreesOutside, Outside}
 use Rattle.gptman.proofs.Numbers.{le_of}
 use Rattle.gptman.proofs.Overlays.{agrees_overlay, length-overlay, overlay_above, overlay_below, overlay_inside}
 use Rattle.gptman.proofs.Ranges.{agrees_then, agrees_wider, within_left, within_right}
-use Rattle.gptedit_look.specs.Protective.{number_at, HasLength}
+use Rattle.gptedit_look.specs.Protective.{number_at, HasSpan}
 
 -- the 4 bytes of a number in a list
 pub number_is : (b : List ℕ) (at n : ℕ) → n < 256 ^ 4
@@ -34,7 +34,7 @@ ends_are (suc zero) lt = refl
 ends_are (suc (suc zero)) lt = refl
 ends_are (suc (suc (suc j))) lt = absurd (omega (arith, lt))
 
-module _ (b : List ℕ) (i n : ℕ) (place : i < 4) (fits : n < 256 ^ 4) (room : 512 ≤ length b) where
+module _ (b : List ℕ) (i s n : ℕ) (place : i < 4) (starts : s < 256 ^ 4) (fits : n < 256 ^ 4) (room : 512 ≤ length b) where
   -- the first 512 bytes
   abbrev first : List ℕ
   first = part b 0 512
@@ -55,20 +55,35 @@ module _ (b : List ℕ) (i n : ℕ) (place : i < 4) (fits : n < 256 ^ 4) (room :
   ended_long : length ended ≡ length first
   ended_long = length-overlay first (451 + 16 * i) last_end end_fits
 
+  -- and another start
+  abbrev started : List ℕ
+  started = overlay ended (454 + 16 * i) (little_bytes 4 s)
+
+  start_fits : (454 + 16 * i) + length (little_bytes 4 s) ≤ length ended
+  start_fits = omega (arith, place, first_long, ended_long)
+
+  started_long : length started ≡ length ended
+  started_long = length-overlay ended (454 + 16 * i) (little_bytes 4 s) start_fits
+
   -- and another length
   abbrev mended : List ℕ
-  mended = overlay ended (458 + 16 * i) (little_bytes 4 n)
+  mended = overlay started (458 + 16 * i) (little_bytes 4 n)
 
-  length_fits : (458 + 16 * i) + length (little_bytes 4 n) ≤ length ended
-  length_fits = omega (arith, place, first_long, ended_long)
+  length_fits : (458 + 16 * i) + length (little_bytes 4 n) ≤ length started
+  length_fits = omega (arith, place, first_long, ended_long, started_long)
 
   mended_long : length mended ≡ 512
-  mended_long = length-overlay ended (458 + 16 * i) (little_bytes 4 n) length_fits ∙ ended_long ∙ first_long
+  mended_long = length-overlay started (458 + 16 * i) (little_bytes 4 n) length_fits ∙ started_long ∙ ended_long ∙ first_long
 
-  mended_agrees : AgreesOutside ((451 + 16 * i, 3) ∷ (458 + 16 * i, 4) ∷ []) first mended
+  later_agrees : AgreesOutside ((454 + 16 * i, 4) ∷ (458 + 16 * i, 4) ∷ []) ended mended
+  later_agrees =
+      agrees_then (agrees_wider (within_left ((454 + 16 * i, 4) ∷ []) ((458 + 16 * i, 4) ∷ [])) (agrees_overlay ended (454 + 16 * i) (little_bytes 4 s) start_fits))
+      (agrees_wider (within_right ((454 + 16 * i, 4) ∷ []) ((458 + 16 * i, 4) ∷ [])) (agrees_overlay started (458 + 16 * i) (little_bytes 4 n) length_fits))
+
+  mended_agrees : AgreesOutside ((451 + 16 * i, 3) ∷ (454 + 16 * i, 4) ∷ (458 + 16 * i, 4) ∷ []) first mended
   mended_agrees =
-      agrees_then (agrees_wider (within_left ((451 + 16 * i, 3) ∷ []) ((458 + 16 * i, 4) ∷ [])) (agrees_overlay first (451 + 16 * i) last_end end_fits))
-      (agrees_wider (within_right ((451 + 16 * i, 3) ∷ []) ((458 + 16 * i, 4) ∷ [])) (agrees_overlay ended (458 + 16 * i) (little_bytes 4 n) length_fits))
+      agrees_then (agrees_wider (within_left ((451 + 16 * i, 3) ∷ []) ((454 + 16 * i, 4) ∷ (458 + 16 * i, 4) ∷ [])) (agrees_overlay first (451 + 16 * i) last_end end_fits))
+      (agrees_wider (within_right ((451 + 16 * i, 3) ∷ []) ((454 + 16 * i, 4) ∷ (458 + 16 * i, 4) ∷ [])) later_agrees)
 
   -- its last 66 bytes
   abbrev piece : List ℕ
@@ -89,7 +104,7 @@ module _ (b : List ℕ) (i n : ℕ) (place : i < 4) (fits : n < 256 ^ 4) (room :
       ∙ get_or-take 66 (drop 446 mended) (k - 446) 0 (omega (arith, low, high)) ∙ get_or-drop 446 mended (k - 446) 0
       ∙ ap (λ (j : ℕ). get_or mended j 0) (omega (arith, low))
 
-  others : (k : ℕ) → Outside ((451 + 16 * i, 3) ∷ (458 + 16 * i, 4) ∷ []) k → get_or new k 0 ≡ get_or b k 0
+  others : (k : ℕ) → Outside ((451 + 16 * i, 3) ∷ (454 + 16 * i, 4) ∷ (458 + 16 * i, 4) ∷ []) k → get_or new k 0 ≡ get_or b k 0
   others k out =
       ⊎_elim (λ (below : k < 446). overlay_below b 446 piece piece_fits k below) (λ (low : 446 ≤ k).
       ⊎_elim (λ (high : k < 512). inside k low high ∙ mended_agrees.same k out ∙ first_same k high)
@@ -98,20 +113,29 @@ module _ (b : List ℕ) (i n : ℕ) (place : i < 4) (fits : n < 256 ^ 4) (room :
   end_is : (k : ℕ) → 451 + 16 * i ≤ k → k < 454 + 16 * i → get_or new k 0 ≡ 0xFF
   end_is k low high =
       inside k (omega (arith, low)) (omega (arith, high, place))
-      ∙ overlay_below ended (458 + 16 * i) (little_bytes 4 n) length_fits k (omega (arith, high))
+      ∙ overlay_below started (458 + 16 * i) (little_bytes 4 n) length_fits k (omega (arith, high))
+      ∙ overlay_below ended (454 + 16 * i) (little_bytes 4 s) start_fits k (omega (arith, high))
       ∙ overlay_inside first (451 + 16 * i) last_end end_fits k low (omega (arith, high))
       ∙ ends_are (k - (451 + 16 * i)) (omega (arith, low, high))
+
+  start_is : number_at new (454 + 16 * i) ≡ s
+  start_is = number_is new (454 + 16 * i) s starts (λ j lt.
+      inside (454 + 16 * i + j) (omega arith) (omega (arith, lt, place))
+      ∙ overlay_below started (458 + 16 * i) (little_bytes 4 n) length_fits (454 + 16 * i + j) (omega (arith, lt))
+      ∙ overlay_inside ended (454 + 16 * i) (little_bytes 4 s) start_fits (454 + 16 * i + j) (omega arith) (omega (arith, lt))
+      ∙ ap (λ (k : ℕ). get_or (little_bytes 4 s) k 0) (omega arith))
 
   length_is : number_at new (458 + 16 * i) ≡ n
   length_is = number_is new (458 + 16 * i) n fits (λ j lt.
       inside (458 + 16 * i + j) (omega arith) (omega (arith, lt, place))
-      ∙ overlay_inside ended (458 + 16 * i) (little_bytes 4 n) length_fits (458 + 16 * i + j) (omega arith) (omega (arith, lt))
+      ∙ overlay_inside started (458 + 16 * i) (little_bytes 4 n) length_fits (458 + 16 * i + j) (omega arith) (omega (arith, lt))
       ∙ ap (λ (k : ℕ). get_or (little_bytes 4 n) k 0) (omega arith))
 
-  -- the length is set
-  pub has_length : HasLength i n b (overlay b 446 (slice_range (overlay (overlay (part b 0 512) (451 + 16 * i) last_end) (458 + 16 * i) (little_bytes 4 n)) 446 512))
-  has_length = record {
+  -- the start and the length are set
+  pub has_span : HasSpan i s n b (overlay b 446 (slice_range (overlay (overlay (overlay (part b 0 512) (451 + 16 * i) last_end) (454 + 16 * i) (little_bytes 4 s)) (458 + 16 * i) (little_bytes 4 n)) 446 512))
+  has_span = record {
     others = record { long = length-overlay b 446 piece piece_fits; same = others };
     end = end_is;
+    start = start_is;
     length = length_is;
   }

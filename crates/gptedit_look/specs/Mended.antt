@@ -4,7 +4,7 @@ use Rattle.gptman.specs.Mbr.{IsMbrStored}
 use Rattle.gptman.specs.Bytes.{part}
 use Rattle.gptman.specs.Disk.{DiskState, Reads}
 use Rattle.gptedit_look.specs.FirstSector.{IsMarked, IsVacant}
-use Rattle.gptedit_look.specs.Protective.{right_length, HasLength, IsOnlyProtective, IsOutOfLength}
+use Rattle.gptedit_look.specs.Protective.{right_length, right_start, HasSpan, IsMisfit, IsOnlyProtective}
 use Rattle.gptedit_look.specs.declared.mending.MbrChange.{MbrChange}
 use Rattle.gptedit_look.specs.declared.mending.MbrChange.TheVariants.{Left, Mended, Made}
 use Rattle.gptedit_look.specs.declared.mending.Plan.{Plan}
@@ -18,21 +18,22 @@ first_bytes disk = part disk.view 0 512
 abbrev pub sectors_of : DiskState → ℕ → ℕ
 sectors_of disk sector_size = disk.size / max sector_size 1
 
--- Entry i is protective, the only entry, and has a wrong length.
-pub record IsInNeed (disk : DiskState) (sector_size i : ℕ) : Type 0 where
+-- Entry i is protective, the only entry, and out of place.
+pub record IsInNeed (may_move : Bool) (disk : DiskState) (sector_size i : ℕ) : Type 0 where
   pub room : 512 ≤ disk.size
   pub marked : IsMarked (first_bytes disk)
-  pub wrong : IsOutOfLength (first_bytes disk) (sectors_of disk sector_size) i
+  pub wrong : IsMisfit may_move (first_bytes disk) (sectors_of disk sector_size) i
 
--- Only the length and the end of entry i changed, the length is n, and nothing is unsynced.
-pub record IsSet (i n : ℕ) (old new : DiskState) : Type 0 where
-  pub bytes : HasLength i n old.view new.view
+-- Only the end, the start and the length of entry i changed, the latter are these, and nothing is unsynced.
+pub record IsSet (i start length : ℕ) (old new : DiskState) : Type 0 where
+  pub bytes : HasSpan i start length old.view new.view
   pub synced : new.pending ≡ []
 
--- Entry i had a wrong length. Unless this is a dry run, the length is right now.
-pub record MendsEntry (is_dry : Bool) (sector_size i : ℕ) (old new : DiskState) : Type 0 where
-  pub need : IsInNeed old sector_size i
-  pub set : is_dry ≡ false → IsSet i (right_length (first_bytes old) (sectors_of old sector_size) i) old new
+-- Entry i was out of place. Unless this is a dry run, it is in place now.
+pub record MendsEntry (may_move is_dry : Bool) (sector_size i : ℕ) (old new : DiskState) : Type 0 where
+  pub need : IsInNeed may_move old sector_size i
+  pub set : is_dry ≡ false → IsSet i (right_start may_move (first_bytes old) i)
+      (right_length may_move (first_bytes old) (sectors_of old sector_size) i) old new
 
 -- A new MBR is permitted, and there was none. Unless this is a dry run, a protective MBR is stored now.
 pub record MakesMbr (may_make is_dry : Bool) (sector_size : ℕ) (old new : DiskState) : Type 0 where
@@ -43,7 +44,7 @@ pub record MakesMbr (may_make is_dry : Bool) (sector_size : ℕ) (old new : Disk
 -- The result describes the change made to the MBR.
 abbrev pub IsChange : Bool → Bool → ℕ → MbrChange → DiskState → DiskState → Type 0
 IsChange may_make is_dry sector_size Left old new = Reads old new
-IsChange may_make is_dry sector_size Mended old new = (i : ℕ) × MendsEntry is_dry sector_size i old new
+IsChange may_make is_dry sector_size Mended old new = (i : ℕ) × MendsEntry may_make is_dry sector_size i old new
 IsChange may_make is_dry sector_size Made old new = MakesMbr may_make is_dry sector_size old new
 
 -- There is an MBR or boot sector, without a protective entry that is the only one.
@@ -54,7 +55,8 @@ pub record IsForeign (b : List ℕ) : Type 0 where
 -- The plan is right for an MBR of these bytes.
 abbrev pub IsPlan : Bool → ℕ → List ℕ → Plan → Type 0
 IsPlan may_make sectors b Leave = Unit {0}
-IsPlan may_make sectors b (Mend misfit) = IsMarked b × IsOutOfLength b sectors misfit.entry × (misfit.length ≡ right_length b sectors misfit.entry)
+IsPlan may_make sectors b (Mend misfit) = IsMarked b × IsMisfit may_make b sectors misfit.entry × (misfit.start ≡ right_start may_make b misfit.entry)
+    × (misfit.length ≡ right_length may_make b sectors misfit.entry)
 IsPlan may_make sectors b Make = IsVacant b × IsTrue may_make
 
 -- The planned entry is one of the four.
@@ -65,7 +67,7 @@ HasPlace _ = Unit {0}
 -- The plan is carried out.
 abbrev pub IsDone : Plan → ℕ → DiskState → DiskState → Type 0
 IsDone Leave sector_size old new = Reads old new
-IsDone (Mend misfit) sector_size old new = IsSet misfit.entry misfit.length old new
+IsDone (Mend misfit) sector_size old new = IsSet misfit.entry misfit.start misfit.length old new
 IsDone Make sector_size old new = IsMbrStored false sector_size old new
 
 -- The result of a plan.

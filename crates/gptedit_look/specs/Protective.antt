@@ -1,5 +1,5 @@
 -- The protective entry of an MBR.
-use Rattle.std.specs.Prelude.{◌≡◌, ◌≢◌, ◌≤◌, ◌<◌, ◌+◌, ◌-◌, ◌*◌, ℕ, List, [], ◌∷◌, get_or, min}
+use Rattle.std.specs.Prelude.{◌≡◌, ◌≢◌, ◌≤◌, ◌<◌, ◌⊎◌, ◌+◌, ◌-◌, ◌*◌, ℕ, Bool, true, false, List, [], ◌∷◌, get_or, min}
 use Rattle.gptman.specs.Disk.{AgreesOutside}
 
 -- The little-endian number in the 4 bytes at `at`.
@@ -24,22 +24,29 @@ pub record IsOnlyProtective (b : List ℕ) (i : ℕ) : Type 0 where
   pub protects : type_of b i ≡ 0xEE
   pub others_unused : (j : ℕ) → j < 4 → j ≢ i → type_of b j ≡ 0
 
--- The length from the start of entry i to the end of a disk of `sectors` sectors, at most `0xFFFFFFFF`.
-abbrev pub right_length : List ℕ → ℕ → ℕ → ℕ
-right_length b sectors i = min (sectors - start_of b i) 0xFFFFFFFF
+-- The first sector that entry i shall have: sector 1, or, unless it may move, the one that it has.
+abbrev pub right_start : Bool → List ℕ → ℕ → ℕ
+right_start true b i = 1
+right_start false b i = start_of b i
 
--- Entry i starts on the disk, and its length is neither the right one nor `0xFFFFFFFF`.
-pub record HasWrongLength (b : List ℕ) (sectors i : ℕ) : Type 0 where
-  pub inside : start_of b i < sectors
-  pub other : length_of b i ≢ right_length b sectors i
-  pub below : length_of b i ≢ 0xFFFFFFFF
+-- The length from there to the end of a disk of `sectors` sectors, at most `0xFFFFFFFF`.
+abbrev pub right_length : Bool → List ℕ → ℕ → ℕ → ℕ
+right_length may_move b sectors i = min (sectors - right_start may_move b i) 0xFFFFFFFF
 
--- Entry i is protective, the only entry, and has a wrong length.
-abbrev pub IsOutOfLength : List ℕ → ℕ → ℕ → Type 0
-IsOutOfLength b sectors i = IsOnlyProtective b i × HasWrongLength b sectors i
+-- The right start of entry i is on the disk; it has another start, or a length that is neither the right one nor
+-- `0xFFFFFFFF`.
+pub record IsAskew (may_move : Bool) (b : List ℕ) (sectors i : ℕ) : Type 0 where
+  pub inside : right_start may_move b i < sectors
+  pub wrong : (start_of b i ≢ right_start may_move b i)
+      ⊎ ((length_of b i ≢ right_length may_move b sectors i) × (length_of b i ≢ 0xFFFFFFFF))
 
--- Only the length and the end of entry i changed: the length is n, and the end is FF FF FF.
-pub record HasLength (i n : ℕ) (old new : List ℕ) : Type 0 where
-  pub others : AgreesOutside ((451 + 16 * i, 3) ∷ (458 + 16 * i, 4) ∷ []) old new
+-- Entry i is protective, the only entry, and out of place.
+abbrev pub IsMisfit : Bool → List ℕ → ℕ → ℕ → Type 0
+IsMisfit may_move b sectors i = IsOnlyProtective b i × IsAskew may_move b sectors i
+
+-- Only the end, the start and the length of entry i changed: the end is FF FF FF, the start s, the length n.
+pub record HasSpan (i s n : ℕ) (old new : List ℕ) : Type 0 where
+  pub others : AgreesOutside ((451 + 16 * i, 3) ∷ (454 + 16 * i, 4) ∷ (458 + 16 * i, 4) ∷ []) old new
   pub end : (k : ℕ) → 451 + 16 * i ≤ k → k < 454 + 16 * i → get_or new k 0 ≡ 0xFF
+  pub start : start_of new i ≡ s
   pub length : length_of new i ≡ n

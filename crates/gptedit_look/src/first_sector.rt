@@ -1,14 +1,14 @@
 //! The MBR in the first 512 bytes of a disk.
 
-ghost use Rattle.std.specs.Prelude.{◌≡◌, ◌≤◌, ◌<◌, ℕ, false, get_or, IfOk, IsTrue};
+ghost use Rattle.std.specs.Prelude.{◌≡◌, ◌≢◌, ◌≤◌, ◌<◌, ℕ, false, get_or, IfOk, IsTrue};
 ghost use Rattle.gptedit_look.specs.FirstSector.{IsVacant};
-ghost use Rattle.gptedit_look.specs.Protective.{IsOutOfLength};
+ghost use Rattle.gptedit_look.specs.Protective.{start_of, IsMisfit, IsOnlyProtective};
 ghost use Rattle.gptedit_look.specs.declared.first_sector.MbrKind.TheVariants.{None as Empty};
 ghost use Rattle.gptman.specs.Answers.{HasCause};
 ghost use Rattle.gptman.specs.Disk.{Reads};
 
 use crate::blocks::{byte_at, has_at, read_block, u16_at, u32_at};
-use crate::protective::find_misfit;
+use crate::protective::{find_misfit, starts_elsewhere};
 use gptman::{Disk, Result};
 use std::alloc::{AllocError, Global};
 
@@ -57,6 +57,8 @@ pub struct FirstSector {
     /// False if the only entry is protective, starts on the disk, and has a wrong length: neither one that ends with
     /// the disk nor `0xFFFFFFFF`.
     pub is_length_right: bool,
+    /// False if the only entry is protective and does not start in sector 1.
+    pub is_start_right: bool,
     /// The number of protective entries.
     pub protective_count: u8,
     /// Whether an entry is marked as bootable.
@@ -129,9 +131,13 @@ pub fn decode(
 ) -> std::result::Result<FirstSector, AllocError>
     ensures vacant { IfOk result (λ first. first.kind ≡ Empty → IsVacant bytes.now) }
     ensures fits { IfOk result (λ first. IsTrue first.is_length_right → (i : ℕ)
-        → ¬ IsOutOfLength bytes.now sectors i) }
-    ensures misfit { IfOk result (λ first. (i : ℕ) → IsOutOfLength bytes.now sectors i
+        → ¬ IsMisfit false bytes.now sectors i) }
+    ensures misfit { IfOk result (λ first. (i : ℕ) → IsMisfit false bytes.now sectors i
         → first.is_length_right ≡ false) }
+    ensures starts { IfOk result (λ first. IsTrue first.is_start_right → (i : ℕ)
+        → IsOnlyProtective bytes.now i → start_of bytes.now i ≡ 1) }
+    ensures elsewhere { IfOk result (λ first. first.is_start_right ≡ false
+        → (i : ℕ) × IsOnlyProtective bytes.now i × (start_of bytes.now i ≢ 1)) }
 {
     let entries = decode_entries(bytes);
     let mut listed = Vec::new(alloc);
@@ -149,6 +155,7 @@ pub fn decode(
     Ok(FirstSector {
         kind,
         is_length_right: has_right_length(bytes, sectors),
+        is_start_right: !starts_elsewhere(bytes),
         protective_count,
         is_bootable: has_entries(kind) && entries.iter().any(|entry| entry.mark == 0x80),
         listed,
@@ -181,10 +188,10 @@ fn listed_of(entry: Entry) -> Listed {
 
 // Reports whether no entry has a wrong length, as `find_misfit` defines it.
 fn has_right_length(bytes: &[u8], sectors: u64) -> bool
-    ensures fits { IsTrue result → (i : ℕ) → ¬ IsOutOfLength bytes.now sectors i }
-    ensures misfit { (i : ℕ) → IsOutOfLength bytes.now sectors i → result ≡ false }
+    ensures fits { IsTrue result → (i : ℕ) → ¬ IsMisfit false bytes.now sectors i }
+    ensures misfit { (i : ℕ) → IsMisfit false bytes.now sectors i → result ≡ false }
 {
-    find_misfit(bytes, sectors).is_none()
+    find_misfit(bytes, sectors, false).is_none()
 }
 
 fn kind_of(bytes: &[u8], entries: &[Entry; 4]) -> MbrKind

@@ -7,7 +7,7 @@ ghost use Rattle.gptman.specs.Disk.{overlay, IsHonest, Keeps, Reads, Writes};
 ghost use Rattle.gptman.specs.Mbr.{mbr_range, IsMbrStored};
 ghost use Rattle.gptedit_look.specs.FirstSector.{IsMarked, IsVacant};
 ghost use Rattle.gptedit_look.specs.Mended.{change_of, first_bytes, HasPlace, IsChange, IsDone, IsForeign, IsInNeed, IsPlan, IsSet};
-ghost use Rattle.gptedit_look.specs.Protective.{IsOutOfLength};
+ghost use Rattle.gptedit_look.specs.Protective.{IsMisfit};
 ghost use Rattle.gptedit_look.specs.declared.mending.MbrChange.TheVariants.{Mended};
 ghost use Rattle.gptedit_look.specs.declared.mending.Plan.TheVariants.{Leave};
 
@@ -37,16 +37,16 @@ const LAST_END: [u8; 3] = [0xff; 3];
 pub enum MbrChange {
     /// It is unchanged.
     Left,
-    /// The length and the end of its protective entry were corrected.
+    /// The start, the length and the end of its protective entry were corrected.
     Mended,
     /// A protective MBR was written.
     Made,
 }
 
 /// Corrects the length and the end of the protective entry, if it is the only entry and its length is wrong. With
-/// `may_make`, writes a protective MBR if there is no 55 AA or no entry. Syncs what it writes. The boot code, the boot
-/// mark, the start of the entry and any other MBR stay unchanged. With `is_dry` nothing is written, and the change that
-/// would be made is returned.
+/// `may_make`, has it start in sector 1 too, and writes a protective MBR if there is no 55 AA or no entry. Syncs what it
+/// writes. The boot code, the boot mark and any other MBR stay unchanged. With `is_dry` nothing is written, and the
+/// change that would be made is returned.
 ///
 /// # Errors
 /// `Io` if the disk fails, `Overflow` if a new MBR is to be written and the disk is shorter than a sector.
@@ -71,9 +71,9 @@ pub fn mend_mbr<D: Disk>(
     ensures others { IsHonest (D.state disk.old) → IsForeign (first_bytes (D.state disk.old))
         → Reads (D.state disk.old) (D.state disk.new) }
 
-    // A wrong length is corrected.
+    // An entry out of place is corrected.
     ensures needed { IsHonest (D.state disk.old) → (i : ℕ)
-        → IsInNeed (D.state disk.old) sector_size i → IfOk result (λ change. change ≡ Mended) }
+        → IsInNeed may_make (D.state disk.old) sector_size i → IfOk result (λ change. change ≡ Mended) }
 {
     let size = disk.seek_end()?;
     if size < MBR_END {
@@ -125,13 +125,13 @@ fn read_first<D: Disk>(disk: &mut D) -> Result<[u8; 512]>
 fn plan_of(bytes: &[u8; 512], sectors: u64, may_make: bool) -> Plan
     ensures plan { IsPlan may_make sectors bytes.now result }
     ensures others { IsForeign bytes.now → result ≡ Leave }
-    ensures needed { (i : ℕ) → IsMarked bytes.now → IsOutOfLength bytes.now sectors i
+    ensures needed { (i : ℕ) → IsMarked bytes.now → IsMisfit may_make bytes.now sectors i
         → change_of result ≡ Mended }
 {
     if is_missing(bytes) {
         return if may_make { Plan::Make } else { Plan::Leave };
     }
-    match find_misfit(bytes, sectors) {
+    match find_misfit(bytes, sectors, may_make) {
         Some(misfit) => Plan::Mend(misfit),
         None => Plan::Leave,
     }
@@ -163,7 +163,7 @@ fn carry_out<D: Disk>(disk: &mut D, plan: Plan, bytes: &[u8; 512], sector_size: 
 {
     match plan {
         Plan::Leave => Ok(()),
-        Plan::Mend(misfit) => set_length(disk, misfit, bytes),
+        Plan::Mend(misfit) => set_span(disk, misfit, bytes),
         Plan::Make => make_mbr(disk, sector_size),
     }
 }
@@ -182,8 +182,8 @@ fn make_mbr<D: Disk>(disk: &mut D, sector_size: u64) -> Result<()>
     Ok(())
 }
 
-// Corrects the length and the end of an entry. `bytes` are the first 512 of the disk.
-fn set_length<D: Disk>(disk: &mut D, misfit: Misfit, bytes: &[u8; 512]) -> Result<()>
+// Corrects the start, the length and the end of an entry. `bytes` are the first 512 of the disk.
+fn set_span<D: Disk>(disk: &mut D, misfit: Misfit, bytes: &[u8; 512]) -> Result<()>
     requires place { misfit.entry < 4 }
     requires room { 512 ≤ (D.state disk.old).size }
     requires bytes { IsHonest (D.state disk.old) → bytes.now ≡ first_bytes (D.state disk.old) }
@@ -191,22 +191,23 @@ fn set_length<D: Disk>(disk: &mut D, misfit: Misfit, bytes: &[u8; 512]) -> Resul
     ensures cause { HasCause result (D.state disk.old) (D.state disk.new) }
     ensures wrote { Writes (mbr_range ∷ []) (D.state disk.old) (D.state disk.new) }
     ensures set { IsHonest (D.state disk.old)
-        → OnOk result (IsSet misfit.entry misfit.length (D.state disk.old) (D.state disk.new)) }
+        → OnOk result (IsSet misfit.entry misfit.start misfit.length (D.state disk.old) (D.state disk.new)) }
 {
     let mended = mended(bytes, misfit);
     write_mbr(disk, &mended[446..512])
 }
 
-// Returns the bytes with the length and the end of this entry corrected.
+// Returns the bytes with the start, the length and the end of this entry corrected.
 fn mended(bytes: &[u8; 512], misfit: Misfit) -> [u8; 512]
     requires { misfit.entry < 4 }
-    ensures contents { result ≡ overlay (overlay bytes.now (451 + 16 * misfit.entry) (0xFF ∷ 0xFF ∷ 0xFF ∷ []))
-        (458 + 16 * misfit.entry) (little_bytes 4 misfit.length) }
-    ensures in_range { misfit.length < 2 ^ 32 }
+    ensures contents { result ≡ overlay (overlay (overlay bytes.now (451 + 16 * misfit.entry) (0xFF ∷ 0xFF ∷ 0xFF ∷ []))
+        (454 + 16 * misfit.entry) (little_bytes 4 misfit.start)) (458 + 16 * misfit.entry) (little_bytes 4 misfit.length) }
+    ensures in_range { (misfit.start < 2 ^ 32) × (misfit.length < 2 ^ 32) }
 {
     let at = ENTRIES + ENTRY_SIZE * misfit.entry;
     let mut mended = *bytes;
     put(&mut mended, at + 5, &LAST_END);
+    put_u32(&mut mended, at + 8, misfit.start);
     put_u32(&mut mended, at + 12, misfit.length);
     mended
 }

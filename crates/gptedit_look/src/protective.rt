@@ -1,7 +1,7 @@
-//! The length of the protective entry of an MBR.
+//! The start and the length of the protective entry of an MBR.
 
-ghost use Rattle.std.specs.Prelude.{◌≡◌, ◌↔◌, ◌<◌, ◌+◌, ◌*◌, ◌-◌, ℕ, min, IfNone, IfSome, IsTrue};
-ghost use Rattle.gptedit_look.specs.Protective.{length_of, number_at, right_length, start_of, type_of, HasWrongLength, IsOnlyProtective, IsOutOfLength};
+ghost use Rattle.std.specs.Prelude.{◌≡◌, ◌≢◌, ◌↔◌, ◌⊎◌, ◌<◌, ◌+◌, ◌*◌, ◌-◌, ℕ, min, IfNone, IfSome, IsTrue};
+ghost use Rattle.gptedit_look.specs.Protective.{length_of, number_at, right_length, right_start, start_of, type_of, IsAskew, IsMisfit, IsOnlyProtective};
 
 use crate::blocks::byte_at;
 
@@ -14,46 +14,87 @@ const ENTRY_SIZE: usize = 16;
 // The type of a protective entry.
 const PROTECTIVE: u8 = 0xee;
 
-/// A protective entry with a wrong length, the only entry of its MBR.
+/// A protective entry that is out of place, the only entry of its MBR.
 #[derive(Clone, Copy, PartialEq, Eq)]
 pub struct Misfit {
     /// The index of the entry, from 0 to 3.
     pub entry: usize,
+    /// The right first sector.
+    pub start: u32,
     /// The right length in sectors.
     pub length: u32,
 }
 
-/// Returns the only entry of an MBR if it is protective and its length is wrong, on a disk of `sectors` sectors. The
-/// right length ends with the disk; `0xFFFFFFFF` is always accepted. An entry that does not start on the disk is not
-/// returned.
-pub fn find_misfit(bytes: &[u8], sectors: u64) -> Option<Misfit>
-    ensures found { IfSome result (λ misfit. IsOutOfLength bytes.now sectors misfit.entry
-        × (misfit.length ≡ right_length bytes.now sectors misfit.entry)) }
-    ensures none { IfNone result ((i : ℕ) → ¬ IsOutOfLength bytes.now sectors i) }
+/// Returns the only entry of an MBR if it is protective and out of place, on a disk of `sectors` sectors. The right
+/// length ends with the disk; `0xFFFFFFFF` is always accepted. With `may_move` the right start is sector 1, else the one
+/// that it has; an entry that does not start on the disk is not returned then.
+pub fn find_misfit(bytes: &[u8], sectors: u64, may_move: bool) -> Option<Misfit>
+    ensures found { IfSome result (λ misfit. IsMisfit may_move bytes.now sectors misfit.entry
+        × (misfit.start ≡ right_start may_move bytes.now misfit.entry)
+        × (misfit.length ≡ right_length may_move bytes.now sectors misfit.entry)) }
+    ensures none { IfNone result ((i : ℕ) → ¬ IsMisfit may_move bytes.now sectors i) }
 {
     let entry = find_only(bytes)?;
-    let length = find_length(bytes, sectors, entry)?;
-    Some(Misfit { entry, length })
+    place_of(bytes, sectors, may_move, entry)
 }
 
-// Returns the right length of this entry, if it has another.
-fn find_length(bytes: &[u8], sectors: u64, entry: usize) -> Option<u32>
-    requires { entry < 4 }
-    ensures found { IfSome result (λ length. HasWrongLength bytes.now sectors entry
-        × (length ≡ right_length bytes.now sectors entry)) }
-    ensures none { IfNone result (¬ HasWrongLength bytes.now sectors entry) }
+/// Reports whether the only entry of an MBR is protective and starts elsewhere than in sector 1. Linux and EDK II find
+/// no table on such a disk.
+pub fn starts_elsewhere(bytes: &[u8]) -> bool
+    ensures elsewhere { IsTrue result → (i : ℕ) × IsOnlyProtective bytes.now i × (start_of bytes.now i ≢ 1) }
+    ensures usual { (i : ℕ) → IsOnlyProtective bytes.now i → start_of bytes.now i ≢ 1 → IsTrue result }
 {
-    let start = u64::from(number_at(bytes, ENTRIES + ENTRY_SIZE * entry + 8));
-    let length = number_at(bytes, ENTRIES + ENTRY_SIZE * entry + 12);
-    if start >= sectors {
+    match find_only(bytes) {
+        Some(entry) => start_at(bytes, entry) != 1,
+        None => false,
+    }
+}
+
+// Returns this entry with its right place, if it has another.
+fn place_of(bytes: &[u8], sectors: u64, may_move: bool, entry: usize) -> Option<Misfit>
+    requires { entry < 4 }
+    ensures found { IfSome result (λ misfit. (misfit.entry ≡ entry) × IsAskew may_move bytes.now sectors entry
+        × (misfit.start ≡ right_start may_move bytes.now entry)
+        × (misfit.length ≡ right_length may_move bytes.now sectors entry)) }
+    ensures none { IfNone result (¬ IsAskew may_move bytes.now sectors entry) }
+{
+    let stored = start_at(bytes, entry);
+    let start = if may_move { 1 } else { stored };
+    if u64::from(start) >= sectors {
         return None;
     }
-    let right = (sectors - start).min(u64::from(u32::MAX)) as u32;
-    if length == right || length == u32::MAX {
-        None
-    } else {
-        Some(right)
+    let length = (sectors - u64::from(start)).min(u64::from(u32::MAX)) as u32;
+    if start == stored && is_length(length_at(bytes, entry), length) {
+        return None;
     }
+    Some(Misfit {
+        entry,
+        start,
+        length,
+    })
+}
+
+// Reports whether a length is accepted in the place of this one.
+fn is_length(length: u32, right: u32) -> bool
+    ensures { IsTrue result ↔ (length ≡ right) ⊎ (length ≡ 0xFFFFFFFF) }
+{
+    length == right || length == u32::MAX
+}
+
+// Returns the first sector of an entry.
+fn start_at(bytes: &[u8], entry: usize) -> u32
+    requires { entry < 4 }
+    ensures { result ≡ start_of bytes.now entry }
+{
+    number_at(bytes, ENTRIES + ENTRY_SIZE * entry + 8)
+}
+
+// Returns the length of an entry in sectors.
+fn length_at(bytes: &[u8], entry: usize) -> u32
+    requires { entry < 4 }
+    ensures { result ≡ length_of bytes.now entry }
+{
+    number_at(bytes, ENTRIES + ENTRY_SIZE * entry + 12)
 }
 
 // Returns the index of the protective entry, if all others have type 0.

@@ -53,6 +53,8 @@ pub enum Wrong<'a> {
     DosMbr,
     /// The protective MBR has the length of another disk.
     MbrLength,
+    /// The protective MBR does not start in sector 1.
+    MbrStart,
     /// The MBR has this number of protective entries.
     Protective(u8),
     /// The MBR lists partitions beside the protective entry.
@@ -257,13 +259,15 @@ impl<'a> Findings<'a> {
     fn add_mbr(&mut self) -> Result<(), AllocError> {
         let first = &self.look.first_sector;
         let count = first.protective_count;
-        let is_length_right = first.is_length_right;
         match first.kind {
             MbrKind::None => return self.add(Wrong::NoMbr),
             MbrKind::Other => return self.add_only(Wrong::OtherMbr),
             MbrKind::Dos => return self.add_only(Wrong::DosMbr),
             MbrKind::Hybrid => self.add_only(Wrong::Hybrid)?,
-            MbrKind::Protective if count == 1 && !is_length_right => self.add(Wrong::MbrLength)?,
+            MbrKind::Protective if !first.is_start_right => self.add(Wrong::MbrStart)?,
+            MbrKind::Protective if count == 1 && !first.is_length_right => {
+                self.add(Wrong::MbrLength)?
+            }
             MbrKind::Protective => (),
         }
         if count > 1 {
@@ -354,6 +358,8 @@ impl Wrong<'_> {
             Wrong::OtherMbr => "there is no protective MBR, but a boot sector in sector 0",
             Wrong::DosMbr => "the disk has a DOS partition table",
             Wrong::MbrLength => "the length in the protective MBR is not that of the disk",
+            Wrong::MbrStart =>
+                "the protective MBR does not start in sector 1, so Linux finds no table",
             Wrong::Hybrid => "the MBR is hybrid: it lists partitions besides the protective entry",
             _ => "a copy is bad",
         }
