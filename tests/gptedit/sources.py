@@ -3,6 +3,7 @@ make loop devices, else a line says so."""
 import os
 import subprocess
 
+from harness.runs import there
 from commands import ROOT
 from locks import limited
 from makers import IMAGE, entry, make
@@ -11,13 +12,15 @@ from uses import Loop, can_loop, start
 ENTRIES = {1: entry(2048, 10239), 2: entry(12288, 20479, "two", ROOT)}
 
 
-def is_in_use(tally, program, what, path, *texts, **how):
-    """Counts whether a change of the partition in use is refused, with these texts, and one of the other is not."""
-    status, err = limited([program.path, "remove", path, "1"], program.folder, **how)
+def is_in_use(tally, program, what, path, *texts, before=(), **how):
+    """Counts whether a change of the partition in use is refused, with these texts, and one of the other is not. The
+    program is run by the words before it."""
+    remove = [*before, program.path, "remove", path]
+    status, err = limited([*remove, "1"], program.folder, **how)
     tally.holds(f"{what}: it is in use: {status} {err}", status == 4 and b"--in-use" in err)
     for text in texts:
         tally.holds(f"{what}: {text!r} is said: {err}", text.encode() in err)
-    tally.equals(f"{what}: --dry-run", 0, limited([program.path, "remove", path, "2", "-n"], program.folder, **how)[0])
+    tally.equals(f"{what}: --dry-run", 0, limited([*remove, "2", "-n"], program.folder, **how)[0])
 
 
 def try_paths(tally, program):
@@ -81,5 +84,27 @@ def try_levels(tally, program):
     return None
 
 
+# How the kernel's list of devices is hidden.
+HIDDEN = {"empty": "mount --bind /dev/null /proc/partitions", "absent": "mount -t proc -o subset=pid none /proc"}
+
+
+def try_lists(tally, program):
+    """The image of a loop device that is mounted, where the kernel's list of devices cannot be read."""
+    if not can_loop(program) or not there("unshare"):
+        return "no loop devices for this user, or no unshare: left out"
+    start(program)
+    os.makedirs(program.file("at"), exist_ok=True)
+    with Loop(program) as loop:
+        if not loop.mounts_first(program.file("at")):
+            return "the partition cannot be mounted: left out"
+        for what, mount in HIDDEN.items():
+            before = ["unshare", "-m", "sh", "-c", f'{mount} && exec "$@"', "sh"]
+            if not loop.call(*before, "true"):
+                print(f"        the list of devices {what}: not to be had here, left out")
+                continue
+            is_in_use(tally, program, f"the list of devices {what}", program.file(IMAGE), before=before)
+    return None
+
+
 SUBJECTS = {"paths of a loop's image": try_paths, "loops over loops": try_levels,
-            "names of mount points": try_mount_points}
+            "names of mount points": try_mount_points, "lists of devices": try_lists}

@@ -1,9 +1,11 @@
 """The writes and syncs of each kind of command, in their order: the other copy, a sync, the own copy, a sync, and
 then the MBR and a sync."""
 import os
+import re
 import shutil
 
 from harness import recording, table
+from harness.runs import run
 from commands import MIB, ROOT
 from makers import ADD, IMAGE, ONE, SIZE, TWO, make, put_dos
 
@@ -105,4 +107,22 @@ def try_mbr(tally, program):
     return None
 
 
-SUBJECTS = {"writes and syncs": try_order, "writes over a broken copy": try_broken, "writes of the MBR": try_mbr}
+def try_saved(tally, program):
+    """The file of --backup and its folder are synced before the image is written."""
+    if not can_trace(program):
+        return "strace is not installed or not allowed: left out"
+    os.makedirs(program.file("synced"))
+    for name in "synced.toml", "synced/here.toml", program.file("synced/there.toml"):
+        make(program, ONE)
+        words = [program.path, "set", IMAGE, "1", "--name", "x", "--backup", name]
+        status = run(["strace", "-y", "-o", "trace", "-e", "trace=fsync,write", *words], cwd=program.folder).status
+        with open(program.file("trace"), encoding="utf-8") as file:
+            found = re.findall(r"^(fsync|write)\(\d+<(.*?)>", file.read(), re.M)
+        saved, image = (os.path.realpath(program.file(file)) for file in (name, IMAGE))
+        wanted = [("write", saved), ("fsync", saved), ("fsync", os.path.dirname(saved)), ("write", image)]
+        tally.equals(f"the writes of --backup {name}", (0, wanted), (status, found[:4]))
+    return None
+
+
+SUBJECTS = {"writes and syncs": try_order, "writes over a broken copy": try_broken, "writes of the MBR": try_mbr,
+            "syncs of a backup": try_saved}

@@ -55,7 +55,7 @@ impl Message for NoBackup<'_> {
     }
 }
 
-/// Writes the table to a new file, in the form that `dump` prints, and syncs it.
+/// Writes the table to a new file, in the form that `dump` prints, and syncs the file and its folder.
 pub fn write_backup<R: Files<File = File> + AllocGlobal>(
     rt: &R,
     image: &str,
@@ -72,5 +72,19 @@ pub fn write_backup<R: Files<File = File> + AllocGlobal>(
 fn write_new<R: Files<File = File>>(rt: &R, file: &str, bytes: &[u8]) -> io::Result<()> {
     let mut created = File::create_new(rt, file)?;
     created.write_all(bytes)?;
-    created.sync_all()
+    created.sync_all()?;
+    sync_folder_of(rt, file);
+    Ok(())
+}
+
+// Syncs the folder of a new file, which a power failure may else remove. Some file systems do not sync folders.
+fn sync_folder_of<R: Files<File = File>>(rt: &R, file: &str) {
+    let folder = match file.rsplit_once('/') {
+        Some(("", _)) => "/",
+        Some((folder, _)) => folder,
+        None => ".",
+    };
+    if let Ok(folder) = File::open(rt, folder) {
+        let _ = folder.sync_all();
+    }
 }

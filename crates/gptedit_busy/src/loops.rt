@@ -1,6 +1,6 @@
 //! Loop devices.
 
-use crate::kernel::{is_there, list, read_first_line, read_path};
+use crate::kernel::{is_there, list, read_first_line, read_path, read_text};
 use crate::target::Target;
 use std::alloc::AllocError;
 use std::rt::Files;
@@ -31,13 +31,34 @@ where
     R: Files + AllocGlobal + Clone + Drop,
 {
     let mut names = Vec::new(rt.alloc());
-    for name in list(rt, "/sys/class/block")? {
+    for name in list_devices(rt)? {
         if name.as_str().starts_with("loop") {
             let file = format!(in rt.alloc(); "/sys/class/block/{name}/loop/backing_file")?;
             if is_there(rt, file.as_str()) {
                 names.push(name)?;
             }
         }
+    }
+    Ok(names)
+}
+
+// Returns the names of the block devices and partitions. The list in `/proc` omits those without sectors, such as
+// detached loop devices; if it is empty or cannot be read, all are returned.
+fn list_devices<R>(rt: &R) -> Result<Vec<String>, AllocError>
+where
+    R: Files + AllocGlobal + Clone + Drop,
+{
+    let alloc = rt.alloc();
+    let mut names = Vec::new(alloc);
+    if let Some(text) = read_text(rt, "/proc/partitions")? {
+        for line in text.as_str().lines() {
+            if let Some(name) = line.split_ascii_whitespace().nth(3) {
+                names.push(String::from_str(alloc, name)?)?;
+            }
+        }
+    }
+    if names.is_empty() {
+        return list(rt, "/sys/class/block");
     }
     Ok(names)
 }
